@@ -2,7 +2,7 @@
 
 ghost use Rattle.std.specs.Prelude.{◌≡◌, ◌↔◌, ◌⊎◌, IfErr, IfOk, IsTrue, MatchOption, OnOk, option_map, string_bytes};
 ghost use Rattle.std.specs.Process.{SameProgramAndArgs};
-ghost use Rattle.session_setup.specs.Logins.{AreLoginWords, GivesLine, GivesNoWord, GivesPassword, HasNoLogin, HasNoPassword, IsLoginOf, IsWithoutPassword, first_line};
+ghost use Rattle.session_setup.specs.Logins.{AreLoginWords, GivesNoWord, GivesPassword, HasFirstLine, HasNoLogin, HasNoPassword, IsLoginOf, IsWithoutPassword, first_line};
 ghost use Rattle.host_and_sample.specs.Host.{IsLoginWord};
 
 use crate::fault::LoginFault;
@@ -162,7 +162,7 @@ fn password_of<S: Secrets>(
 // The first line of the file, as a password.
 fn password_in<F: Read + Drop>(alloc: Global, file: F) -> Result<ArrayString<32>, LoginFault>
     ensures given { IfOk result (λ word. IsLoginWord word.bytes
-        × GivesLine (F.remaining file) word.bytes) }
+        × HasFirstLine (F.remaining file) word.bytes) }
     ensures none { IfErr result (GivesNoWord (F.remaining file)) }
 {
     let mut bytes = Vec::new(alloc);
