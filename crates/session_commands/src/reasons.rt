@@ -4,6 +4,7 @@ ghost use Rattle.std.specs.Prelude.{List, ℕ, IfOk, string_bytes};
 ghost use Rattle.session_commands.specs.Words.{IsReasonLine};
 
 use crate::children::local_address;
+use record_commands::system_words::without_number;
 use session_setup::out_file;
 use session_setup::paths::{ENGINE_ERRORS, SERVER_ERRORS, starts_server};
 use session_setup::reading::SeesFiles;
@@ -126,11 +127,4 @@ fn reason_line(alloc: Global, name: &str, error: &io::Error) -> Result<String, O
     let words = format!(in alloc; "{error}")?;
     let reason = without_number(&words);
     Ok(format!(in alloc; "  {name}: {reason}\n")?)
-}
-
-fn without_number(words: &str) -> &str {
-    match words.split_once(" (os error ") {
-        Some((reason, _)) => reason,
-        None => words,
-    }
 }
