@@ -9,6 +9,7 @@ ghost use Rattle.archive_commands.specs.LineNumbers.{ends_line, line_ends, line_
 use crate::folders;
 use csa_record::{PIECE, Refusal, read_uninterrupted};
 use memchr::{memchr2, memchr3};
+use record_commands::system_words::without_number;
 use shogi_board::OutOfMemory;
 use std::alloc::Global;
 use std::fs;
@@ -129,13 +130,6 @@ fn line_with(alloc: Global, file: &str, reason: &str) -> Result<String, OutOfMem
     ensures line { IfOk result (λ text. IsReasonLine file.now (string_bytes text)) }
 {
     Ok(format!(in alloc; "  {file}: {reason}\n")?)
-}
-
-fn without_number(words: &str) -> &str {
-    match words.split_once(" (os error ") {
-        Some((reason, _)) => reason,
-        None => words,
-    }
 }
 
 // Reads up to this offset, and returns the number of the line that it is in. None if the input ends

@@ -4,7 +4,7 @@ ghost use Rattle.std.specs.Prelude.{IfOk, None, string_bytes};
 ghost use Rattle.archive_commands.specs.Explaining.{IsPlaceLine, IsReasonLine};
 
 use crate::explain;
-use crate::progress::Progress;
+use crate::progress::FilesDone;
 use csa_record::Refusal;
 use shogi_board::OutOfMemory;
 use std::io::Eprint;
@@ -87,16 +87,16 @@ pub struct StandardError<'a, R> {
     rt: &'a R,
     is_explained: bool,
     output: OutputPlace,
-    progress: Progress,
+    progress: FilesDone,
 }
 
 impl<'a, R: Clock + Eprint> StandardError<'a, R> {
     /// Standard error of that runtime, for so many files.
     pub(crate) fn new(rt: &'a R, verbosity: Verbosity, files: usize) -> StandardError<'a, R> {
         let progress = if verbosity.shows_progress {
-            Progress::started(rt, files)
+            FilesDone::started(rt, files)
         } else {
-            Progress::hidden()
+            FilesDone::hidden()
         };
         StandardError {
             rt,

@@ -9,7 +9,7 @@ const PAUSE: u128 = 100;
 
 /// The number of files that are done, and the line that shows it.
 #[derive(Drop)]
-pub(crate) struct Progress {
+pub(crate) struct FilesDone {
     all: usize,
     done: usize,
     // When the first file was begun. None if the line is never shown.
@@ -22,10 +22,10 @@ pub(crate) struct Progress {
     needs_line: bool,
 }
 
-impl Progress {
+impl FilesDone {
     /// Shows nothing.
-    pub(crate) fn hidden() -> Progress {
-        Progress {
+    pub(crate) fn hidden() -> FilesDone {
+        FilesDone {
             all: 0,
             done: 0,
             start: None,
@@ -36,11 +36,11 @@ impl Progress {
     }
 
     /// Shows how many of so many files are done, from now on. Shows nothing if the clock fails.
-    pub(crate) fn started<R: Clock>(rt: &R, all: usize) -> Progress {
-        Progress {
+    pub(crate) fn started<R: Clock>(rt: &R, all: usize) -> FilesDone {
+        FilesDone {
             all,
             start: Instant::now(rt).ok(),
-            ..Progress::hidden()
+            ..FilesDone::hidden()
         }
     }
 

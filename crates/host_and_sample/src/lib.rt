@@ -24,5 +24,6 @@ mod words;
 
 pub use config::HostConfig;
 pub use host::{Host, HostOut};
+pub use login::is_login_word;
 pub use outcome::Outcome;
 pub use sample::{Sample, SampleOut};

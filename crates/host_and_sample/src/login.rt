@@ -47,7 +47,8 @@ pub(crate) fn is_login(word: &[u8]) -> bool
     word == texts::LOGIN
 }
 
-fn is_login_word(word: &[u8]) -> bool
+/// Whether the word can be the name or the password of a login: 1 to 32 bytes from 0x21 to 0x7E.
+pub fn is_login_word(word: &[u8]) -> bool
     ensures { IsTrue result ↔ IsLoginWord word.now }
 {
     !word.is_empty() && word.len() <= 32 && word.iter().all(|b| 0x21 <= *b && *b <= 0x7E)

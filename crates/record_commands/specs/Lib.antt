@@ -5,4 +5,5 @@ pub mod Inputs
 pub mod OneLine
 pub mod Reports
 pub mod Printing
+pub mod SystemWords
 pub mod Words

@@ -1,6 +1,7 @@
 //! The commands of the program `shogi` that read a record or a position line and print something
-//! about it: [`check`], [`normal`], [`usi`] and [`csa`]. [`incoming`] reads lines, and [`streams`]
-//! reads records and writes. Nothing here depends on sessions.
+//! about it: [`check`], [`normal`], [`usi`] and [`csa`]. [`incoming`] reads lines, [`streams`]
+//! reads records and writes, and [`system_words`] shortens the system's words for an error. Nothing
+//! here depends on sessions.
 //!
 //! Each command is a module with a function `run` over a runtime; its bounds say which files and
 //! standard streams it may use:
@@ -20,6 +21,7 @@ mod inputs;
 pub mod normal;
 mod report;
 pub mod streams;
+pub mod system_words;
 pub mod usi;
 
 pub use fault::{PositionLineFault, ReadFault, WriteFault};

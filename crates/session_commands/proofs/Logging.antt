@@ -8,7 +8,7 @@ use Rattle.session_commands.specs.declared.bridging.Peer.{Peer}
 use Rattle.session_commands.specs.declared.bridging.Peer.TheVariants.{Engine, Server}
 use Rattle.record_commands.specs.declared.incoming.LineEvent.{LineEvent}
 use Rattle.record_commands.specs.declared.incoming.LineEvent.TheVariants.{Line, End, Long, Failed}
-use Rattle.session_commands.specs.declared.log.Direction.TheVariants.{From, To}
+use Rattle.session_commands.specs.declared.log.LogDirection.TheVariants.{From, To}
 use Rattle.session_commands.specs.LackOfMemory.{NextRunsOut, PlayRunsOut, SendRunsOut, engine_gone, first_unsent, later_unsent, lost_before, no_next, none_came, not_begun, not_stepped, server_gone}
 use Rattle.session_commands.specs.LackOfMemoryLogs.{came_before, passed_before, taken_before}
 use Rattle.session_commands.specs.Logging.{Entry, Notes, NotesAll, NotesIfAny, came_in, entry_of, passed, passed_in, taken_of}

@@ -15,7 +15,7 @@ use Rattle.shogi_session.specs.Texts.{ended_line, text_of}
 use Rattle.session_commands.specs.declared.bridging.Peer.{Peer}
 use Rattle.session_commands.specs.declared.ending.Snapshot.{Snapshot}
 use Rattle.session_commands.specs.declared.bridging.Peer.TheVariants.{Engine, Server}
-use Rattle.session_commands.specs.declared.log.Direction.TheVariants.{To}
+use Rattle.session_commands.specs.declared.log.LogDirection.TheVariants.{To}
 use Rattle.session_commands.specs.Logging.{Entry, came_in, entry_of, passed, passed_in, taken_of}
 use Rattle.session_commands.specs.LogTexts.{DifferInPasswords, login_entry, logins, no_entries}
 use Rattle.session_commands.specs.LogTexts as differ

@@ -13,7 +13,7 @@ use Rattle.bridge_table.specs.declared.state.ClientState.{ClientState}
 use Rattle.bridge_table.specs.declared.state.ClientState.TheVariants as client
 use Rattle.csa_cutting.specs.Cut.{begins_with}
 use Rattle.session_commands.specs.declared.bridging.Peer.TheVariants.{Engine, Server}
-use Rattle.session_commands.specs.declared.ending.Refusal.{Refusal}
+use Rattle.session_commands.specs.declared.ending.LineRefusal.{LineRefusal}
 use Rattle.session_commands.specs.declared.ending.Snapshot.{Snapshot}
 use Rattle.session_commands.specs.declared.ending.EndEvent.{EndEvent}
 use Rattle.session_commands.specs.declared.ending.EndEvent.TheVariants.{Slip, Ending, Reason, Result as Outcome, Refused as RefusedBy}
@@ -38,7 +38,7 @@ pub record Ended : Type 0 where
   pub slip : Option (List ℕ)
   pub reason : Option (List ℕ)
   pub outcome : Option (List ℕ)
-  pub refused : Option (List ℕ × Refusal)
+  pub refused : Option (List ℕ × LineRefusal)
   pub long : Option Peer
 
 -- the game is in play, or its result alone is still to come
@@ -171,7 +171,7 @@ fault_line None fault = match_words fault ++ 10 ∷ []
 
 -- the last line of a log: about the server's line that was refused, about the peer whose line was
 -- too long, or else about the fault; after a session that ended well there is none
-abbrev pub last_line : Option (List ℕ × Refusal) → Option Peer → Result ⊤ MatchFault → List ℕ
+abbrev pub last_line : Option (List ℕ × LineRefusal) → Option Peer → Result ⊤ MatchFault → List ℕ
 last_line (Some refused) long played =
     refused_line refused.1.fault refused.1.summary refused.0
 last_line None (Some peer) played = long_line peer ++ 10 ∷ []

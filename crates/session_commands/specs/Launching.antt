@@ -1,16 +1,16 @@
 -- For private functions: how the programs of a game are started, joined to a bridge, and ended.
-use Rattle.std.specs.Prelude.{◌≡◌, ◌++◌, ℕ, Bool, List, [], ◌∷◌, Option, None, Some, codes, decimal, map, option_map}
+use Rattle.std.specs.Prelude.{◌≡◌, ◌++◌, ℕ, List, [], ◌∷◌, Option, None, Some, codes, decimal, map, option_map}
 use Rattle.std.specs.Borrow.{Bor}
 use Rattle.record_commands.specs.Incoming.{Coming}
 use Rattle.session_setup.specs.Faults.{IsFileFault}
 use Rattle.session_commands.specs.Children.{IsEngineFault, IsServerFault}
-use Rattle.session_setup.specs.Paths.{starts_server}
 use Rattle.session_commands.specs.Ports.{Explains, SaysNoPort, SaysPort}
 use Rattle.session_commands.specs.declared.children.SessionEnd.{SessionEnd}
 use Rattle.session_commands.specs.declared.children.SessionEnd.TheVariants.{BrokenOff}
 use Rattle.session_setup.specs.declared.fault.MatchFault.{MatchFault}
 use Rattle.session_setup.specs.declared.fault.MatchFault.TheVariants.{OutOfMemory}
 use Rattle.shogi_words.specs.declared.play.Plan.{Plan}
+use Rattle.shogi_words.specs.declared.play.ServerChoice.{ServerChoice}
 use Rattle.shogi_words.specs.declared.play.ServerChoice.TheVariants.{Started, At}
 
 -- the words of a server: one game of at most so many moves, on a port of its choice
@@ -26,13 +26,13 @@ engine_words words = map (λ word. word.now) words
 abbrev pub local_address : ℕ → List ℕ
 local_address port = codes "127.0.0.1:" ++ decimal port
 
--- a log was made: its name, whether a server is to be started, and itself, if there is one
+-- a log was made: its name, the server of the game, and itself, if there is one
 abbrev pub MakesLog : Type 0 → Type 0 → Type 1
-MakesLog P L = P → Option (List ℕ) → Bool → Option L → P → Type 0
+MakesLog P L = P → Option (List ℕ) → ServerChoice → Option L → P → Type 0
 
 -- it was not
 abbrev pub MakesNoLog : Type 0 → Type 1
-MakesNoLog P = P → Option (List ℕ) → Bool → P → Type 0
+MakesNoLog P = P → Option (List ℕ) → ServerChoice → P → Type 0
 
 -- the name of the log of a plan
 abbrev pub log_name : Plan → Option (List ℕ)
@@ -161,7 +161,7 @@ pub record IsLogged {P L C I W : Type 0} (logs : MakesLog P L)
     (plan : Plan) (p : P) (log : Option L) (engine : C) (from_engine : Coming) (to_engine : I)
     (from_server : Coming) (to_server : W) (q : P) (server : Option C) : Type 0 where
   pub between : P
-  pub made : logs p (log_name plan) (starts_server plan.server) log between
+  pub made : logs p (log_name plan) plan.server log between
   pub started : IsStarted serves thinks connects
       plan between engine from_engine to_engine from_server to_server q server
 
@@ -172,12 +172,12 @@ pub data HasNoGame {P L C W : Type 0} (logs : MakesLog P L) (logs_not : MakesNoL
     (connects : Connects P W) (connects_not : ConnectsNot P) (thinks_not : StartsNot P)
     (ended : EndsProgram P C) (plan : Plan) (p : P) (log : Option L) (q : P)
     : MatchFault → Type 0 where
-  no_log : (fault : MatchFault) → logs_not p (log_name plan) (starts_server plan.server) q
+  no_log : (fault : MatchFault) → logs_not p (log_name plan) plan.server q
       → IsFileFault fault
       → HasNoGame logs logs_not serves serves_not explained connects connects_not thinks_not ended
       plan p log q fault
   no_game : (between : P) (fault : MatchFault)
-      → logs p (log_name plan) (starts_server plan.server) log between
+      → logs p (log_name plan) plan.server log between
       → IsUnstarted serves serves_not explained connects connects_not thinks_not ended
       plan between q fault
       → HasNoGame logs logs_not serves serves_not explained connects connects_not thinks_not ended

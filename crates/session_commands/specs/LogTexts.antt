@@ -9,8 +9,8 @@ use Rattle.session_commands.specs.declared.bridging.Peer.{Peer}
 use Rattle.session_commands.specs.declared.bridging.Peer.TheVariants.{Engine, Server}
 use Rattle.session_commands.specs.declared.log.LogState.{LogState}
 use Rattle.session_commands.specs.declared.log.LogState.TheVariants.{Whole, Unwritten, OutOfMemory}
-use Rattle.session_commands.specs.declared.log.Direction.{Direction}
-use Rattle.session_commands.specs.declared.log.Direction.TheVariants.{From, To}
+use Rattle.session_commands.specs.declared.log.LogDirection.{LogDirection}
+use Rattle.session_commands.specs.declared.log.LogDirection.TheVariants.{From, To}
 use Rattle.session_setup.specs.declared.fault.MatchFault.{MatchFault}
 use Rattle.session_setup.specs.declared.fault.MatchFault.TheVariants as fault
 use Rattle.shogi_session.specs.Host.{IsLoginWord}
@@ -32,7 +32,7 @@ abbrev pub time_text : ℕ → List ℕ
 time_text ms = seconds_text (ms / 1000) ++ (codes "." ++ places_text ms)
 
 -- the peer, and the direction of a line
-abbrev pub sign : Peer → Direction → List ℕ
+abbrev pub sign : Peer → LogDirection → List ℕ
 sign Engine From = codes " engine > "
 sign Engine To = codes " engine < "
 sign Server From = codes " server > "
@@ -53,7 +53,7 @@ pub data HidesPassword (lines shown : List ℕ) : Type 0 where
       → HidesPassword lines shown
 
 -- what is shown of lines
-abbrev pub IsShown : Peer → Direction → List ℕ → List ℕ → Type 0
+abbrev pub IsShown : Peer → LogDirection → List ℕ → List ℕ → Type 0
 IsShown Engine From lines shown = shown ≡ lines
 IsShown Engine To lines shown = shown ≡ lines
 IsShown Server From lines shown = shown ≡ lines

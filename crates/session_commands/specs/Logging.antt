@@ -5,17 +5,17 @@ use Rattle.shogi_session.specs.Events.{Event, begin, engine_line, server_line, e
 use Rattle.shogi_session.specs.Promises.{Session}
 use Rattle.session_commands.specs.declared.bridging.Peer.{Peer}
 use Rattle.session_commands.specs.declared.bridging.Peer.TheVariants.{Engine, Server}
-use Rattle.session_commands.specs.declared.log.Direction.{Direction}
-use Rattle.session_commands.specs.declared.log.Direction.TheVariants.{From, To}
+use Rattle.session_commands.specs.declared.log.LogDirection.{LogDirection}
+use Rattle.session_commands.specs.declared.log.LogDirection.TheVariants.{From, To}
 use Rattle.session_commands.specs.Plays.{Delivers, no_lines, taken, lost, Gives, History, begun, goes_on, Round, Takes}
 
 -- a line that came from a peer, without its line end; or lines that went to it, with theirs
 pub record Entry : Type 0 where
   pub peer : Peer
-  pub direction : Direction
+  pub direction : LogDirection
   pub lines : List ℕ
 
-abbrev pub entry_of : Peer → Direction → List ℕ → Entry
+abbrev pub entry_of : Peer → LogDirection → List ℕ → Entry
 entry_of peer direction lines = record { peer = peer; direction = direction; lines = lines }
 
 -- a log took an entry

@@ -18,7 +18,7 @@ ghost use Rattle.bridge_table.specs.declared.event.Status.TheVariants.{Done, Fai
 
 use crate::ending::Snapshot;
 use crate::laws::{played_moves_are_legal, sent_lines_are_held};
-use crate::progress::{Progress, Says};
+use crate::progress::{Progress, SaysLines};
 use record_commands::incoming::{Incoming, LineEvent};
 use record_commands::{WriteFault, streams};
 use session_setup::MatchFault;
@@ -230,7 +230,7 @@ impl<ER: Read + Drop, EW: Write + Drop, SR: Read + Drop, SW: Write + Drop> Ends
 ///
 /// Refuses `Session` if the session fails, `OutOfMemory` if an allocation fails, and `Endless` if
 /// the session goes on for 2^64 - 1 rounds.
-pub fn play<R: Says + AllocGlobal, E: Ends>(
+pub fn play<R: SaysLines + AllocGlobal, E: Ends>(
     bridge: &mut Bridge,
     ends: &mut E,
     progress: &mut Progress<'_, R, E>,
@@ -326,7 +326,7 @@ fn end_event(peer: Peer) -> Event<'static>
 }
 
 // The step for what comes next from the peer that the bridge waits for.
-fn step_next<R: Says + AllocGlobal, E: Ends>(
+fn step_next<R: SaysLines + AllocGlobal, E: Ends>(
     bridge: &mut Bridge,
     ends: &mut E,
     progress: &mut Progress<'_, R, E>,
@@ -351,7 +351,7 @@ fn step_next<R: Says + AllocGlobal, E: Ends>(
 }
 
 // Shows the last line from the server, if it may be a move that the bridge accepted.
-fn show_move<R: Says + AllocGlobal, E: Ends>(
+fn show_move<R: SaysLines + AllocGlobal, E: Ends>(
     progress: &mut Progress<'_, R, E>,
     bridge: &Bridge,
     is_move: bool,
@@ -365,7 +365,7 @@ fn show_move<R: Says + AllocGlobal, E: Ends>(
 }
 
 // Keeps what came from the peer, if it says something of the end.
-fn keep_end<R: Says + AllocGlobal, E: Ends>(
+fn keep_end<R: SaysLines + AllocGlobal, E: Ends>(
     progress: &mut Progress<'_, R, E>,
     before: Snapshot,
     after: Snapshot,

@@ -11,11 +11,12 @@ use crate::log::{Log, TextLog};
 use crate::log_output::{LogWriter, StandardError, Stopwatch};
 use record_commands::incoming::Incoming;
 use session_setup::groups::{self, Member, Reach};
-use session_setup::paths::{ENGINE_ERRORS, SERVER_ERRORS};
+use session_setup::paths::{ENGINE_ERRORS, SERVER_ERRORS, starts_server};
 use session_setup::reading::SeesFiles;
 use session_setup::starting::Starter;
 use session_setup::{MatchFault, SearchPath, login, memory_or};
 use shogi_session::SessionFault;
+use shogi_words::ServerChoice;
 use std::alloc::{AllocError, Global};
 use std::fs::{self, File};
 use std::io::{self, Eprint, Read, Write};
@@ -48,11 +49,12 @@ pub enum SessionEnd {
 
 /// What makes the log of a game, starts and ends its programs, and connects to servers.
 pub trait Programs {
-    ghost use Rattle.std.specs.Prelude.{◌≡◌, ◌≢◌, ℕ, Bool, List, Option, None, option_map};
+    ghost use Rattle.std.specs.Prelude.{◌≡◌, ◌≢◌, ℕ, List, Option, None, option_map};
     ghost use Rattle.record_commands.specs.Incoming.{Coming};
     ghost use Rattle.session_setup.specs.Faults.{IsFileFault};
     ghost use Rattle.session_commands.specs.Children.{IsEngineFault, IsServerFault};
     ghost use Rattle.session_commands.specs.declared.children.SessionEnd.{SessionEnd as End};
+    ghost use Rattle.shogi_words.specs.declared.play.ServerChoice.{ServerChoice as Server};
 
     /// The log of a game.
     type Log: Log + Drop;
@@ -74,9 +76,9 @@ pub trait Programs {
 
     // If there is a name, this log was made for it, and files beside it for what the engine says on
     // its standard error, and what the server says there if one is to be started.
-    ghost logs: { Self → Option (List ℕ) → Bool → Option Self.Log → Self → Type 0 };
+    ghost logs: { Self → Option (List ℕ) → Server → Option Self.Log → Self → Type 0 };
 
-    ghost logs_not: { Self → Option (List ℕ) → Bool → Self → Type 0 };
+    ghost logs_not: { Self → Option (List ℕ) → Server → Self → Type 0 };
 
     // Why there is no game, if anything is known of it.
     ghost reason: { Self → Option (List ℕ) };
@@ -111,12 +113,12 @@ pub trait Programs {
     fn make_log(
         &mut self,
         name: Option<&str>,
-        starts_server: bool,
+        server: ServerChoice<'_>,
     ) -> Result<Option<Self::Log>, MatchFault>
         ensures logs { IfOk result (λ log.
-            logs self.old (option_map (λ s. s.now) name.entry) starts_server log self.new) }
+            logs self.old (option_map (λ s. s.now) name.entry) server.entry log self.new) }
         ensures logs_not { OnErr result
-            (logs_not self.old (option_map (λ s. s.now) name.entry) starts_server self.new) }
+            (logs_not self.old (option_map (λ s. s.now) name.entry) server.entry self.new) }
         ensures nothing { name.entry ≡ None → IfOk result (λ log. log ≡ None) }
         ensures something { name.entry ≢ None → IfOk result (λ log. log ≢ None) }
         ensures faults { IfErr result IsFileFault };
@@ -263,9 +265,9 @@ impl<
 
     type Writer = TcpStream;
 
-    ghost logs = { λ p name starts_server log q. ⊤ };
+    ghost logs = { λ p name server log q. ⊤ };
 
-    ghost logs_not = { λ p name starts_server q. ⊤ };
+    ghost logs_not = { λ p name server q. ⊤ };
 
     ghost reason = { λ p. option_map string_bytes p.reason };
 
@@ -290,7 +292,7 @@ impl<
     fn make_log(
         &mut self,
         name: Option<&str>,
-        starts_server: bool,
+        server: ServerChoice<'_>,
     ) -> Result<Option<Self::Log>, MatchFault> {
         let writer = match name {
             None => return Ok(None),
@@ -302,7 +304,7 @@ impl<
             Some(path) => {
                 let file = created(self.rt, path)?;
                 self.errors.engine = errors_beside(self.rt, path, ENGINE_ERRORS, &file)?;
-                if starts_server {
+                if starts_server(server) {
                     self.errors.server = errors_beside(self.rt, path, SERVER_ERRORS, &file)?;
                 }
                 LogWriter::File(file)

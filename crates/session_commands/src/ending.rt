@@ -59,7 +59,7 @@ impl Snapshot {
 
 /// Why a line of the server failed the session.
 #[derive(Clone, Copy)]
-pub struct Refusal {
+pub struct LineRefusal {
     /// The session's fault.
     pub fault: SessionFault,
     /// Why the summary offers no game, if the line ended one.
@@ -78,7 +78,7 @@ pub enum EndEvent {
     /// The server sent a result.
     Result,
     /// The server's line failed the session.
-    Refused(Refusal),
+    Refused(LineRefusal),
 }
 
 /// What a line from that peer says of the end, if it led the bridge from one snapshot to the other
@@ -97,7 +97,7 @@ pub fn end_in(
     match peer {
         Peer::Engine => engine_event(before, after),
         Peer::Server => match status {
-            Status::Failed(fault) => Some(EndEvent::Refused(Refusal {
+            Status::Failed(fault) => Some(EndEvent::Refused(LineRefusal {
                 fault,
                 summary: after.summary,
             })),
@@ -188,7 +188,7 @@ pub struct EndNotes {
     reason: Option<Excerpt>,
     result: Option<Excerpt>,
     // The line of the server that failed the session, and why.
-    refused: Option<(Excerpt, Refusal)>,
+    refused: Option<(Excerpt, LineRefusal)>,
     // The peer whose line was too long.
     long: Option<Peer>,
 }
@@ -368,7 +368,7 @@ pub fn gone_line(peer: Peer) -> &'static str
 
 /// The line about a line of the server that failed the session. Returns an error if an allocation
 /// fails.
-pub fn refused_line(alloc: Global, line: &str, refusal: Refusal) -> Result<String, AllocError>
+pub fn refused_line(alloc: Global, line: &str, refusal: LineRefusal) -> Result<String, AllocError>
     ensures { IfOk result (λ text.
         string_bytes text ≡ refused_line refusal.fault refusal.summary line.now) }
 {

@@ -14,7 +14,6 @@ use crate::fault_words::{login_words, match_words};
 use crate::log::{Log, Logged};
 use crate::port_line::{FirstLine, first_line};
 use record_commands::incoming::Incoming;
-use session_setup::paths::starts_server;
 use session_setup::{MatchFault, PlayCommandFault};
 use shogi_words::{Plan, ServerChoice};
 use std::alloc::{AllocError, Global};
@@ -147,9 +146,7 @@ impl<P: Programs + Drop> Launcher for Local<P> {
         h.log fault k.log × (k.programs ≡ h.programs) };
 
     fn start(&mut self, plan: &Plan<'_, '_>) -> Result<(Self::Peers, Self::Running), MatchFault> {
-        let log = self
-            .programs
-            .make_log(plan.log, starts_server(plan.server))?;
+        let log = self.programs.make_log(plan.log, plan.server)?;
         match start(self.alloc, &mut self.programs, plan) {
             Ok((ends, running)) => Ok((Logged { ends, log }, running)),
             Err(fault) => {

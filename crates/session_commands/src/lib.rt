@@ -32,4 +32,4 @@ pub mod serve;
 pub mod talk;
 pub mod wire;
 
-pub use progress::{Progress, Says, Screen};
+pub use progress::{Progress, SaysLines, Screen};

@@ -21,7 +21,7 @@ const LOGIN_FRONT: &[u8] = b"LOGIN ";
 
 /// Whether lines come from a peer or go to it.
 #[derive(Clone, Copy)]
-pub enum Direction {
+pub enum LogDirection {
     /// They come from it.
     From,
     /// They go to it.
@@ -46,7 +46,7 @@ pub trait Log {
 
     /// Notes a line that came from the peer, without its line end, or lines that went to it, with
     /// theirs.
-    fn note(&mut self, peer: Peer, direction: Direction, lines: &[u8])
+    fn note(&mut self, peer: Peer, direction: LogDirection, lines: &[u8])
         ensures { noted self.old (entry_of peer direction lines.now) self.new };
 
     /// Adds a text at the end. If the log is not whole then, refuses `Write`, or `OutOfMemory` if
@@ -67,7 +67,7 @@ impl<L: Log + Drop> Log for Option<L> {
 
     ghost unclosed = { RefusesIfAny L.unclosed };
 
-    fn note(&mut self, peer: Peer, direction: Direction, lines: &[u8]) {
+    fn note(&mut self, peer: Peer, direction: LogDirection, lines: &[u8]) {
         if let Some(log) = self {
             log.note(peer, direction, lines);
         }
@@ -122,7 +122,8 @@ impl<E: Ends + Drop, L: Log + Drop> Ends for Logged<E, L> {
         if event != LineEvent::Line {
             return Ok(event);
         }
-        self.log.note(peer, Direction::From, self.ends.line(peer));
+        self.log
+            .note(peer, LogDirection::From, self.ends.line(peer));
         Ok(event)
     }
 
@@ -132,7 +133,7 @@ impl<E: Ends + Drop, L: Log + Drop> Ends for Logged<E, L> {
 
     fn send(&mut self, peer: Peer, lines: &[u8]) -> Result<(), WriteFault> {
         self.ends.send(peer, lines)?;
-        self.log.note(peer, Direction::To, lines);
+        self.log.note(peer, LogDirection::To, lines);
         Ok(())
     }
 
@@ -217,7 +218,7 @@ impl<T: Timer + Drop, W: Write + Drop> Log for TextLog<T, W> {
     ghost unclosed = { λ l text m.
         CutsText l.state (W.contents l.writer) text m.state (W.contents m.writer) };
 
-    fn note(&mut self, peer: Peer, direction: Direction, lines: &[u8]) {
+    fn note(&mut self, peer: Peer, direction: LogDirection, lines: &[u8]) {
         if self.state != LogState::Whole {
             return;
         }
@@ -257,7 +258,7 @@ fn write_entry<W: Write>(
     writer: &mut W,
     time: u64,
     peer: Peer,
-    direction: Direction,
+    direction: LogDirection,
     lines: &[u8],
 ) -> Result<(), MatchFault>
     ensures written { OnOk result (AppendsEntry (λ t. t ≡ time)
@@ -275,7 +276,7 @@ fn entry_text(
     alloc: Global,
     time: u64,
     peer: Peer,
-    direction: Direction,
+    direction: LogDirection,
     lines: &[u8],
 ) -> Result<Vec<u8>, AllocError>
     ensures { IfOk result (λ text.
@@ -291,21 +292,26 @@ fn entry_text(
 fn shown(
     alloc: Global,
     peer: Peer,
-    direction: Direction,
+    direction: LogDirection,
     lines: &[u8],
 ) -> Result<Vec<u8>, AllocError>
     ensures { IfOk result (λ shown. IsShown peer direction lines.now shown.items) }
 {
     match (peer, direction) {
-        (Peer::Server, Direction::To) => without_password(alloc, lines),
-        (Peer::Server, Direction::From) => Vec::from_slice(alloc, lines),
-        (Peer::Engine, Direction::From) => Vec::from_slice(alloc, lines),
-        (Peer::Engine, Direction::To) => Vec::from_slice(alloc, lines),
+        (Peer::Server, LogDirection::To) => without_password(alloc, lines),
+        (Peer::Server, LogDirection::From) => Vec::from_slice(alloc, lines),
+        (Peer::Engine, LogDirection::From) => Vec::from_slice(alloc, lines),
+        (Peer::Engine, LogDirection::To) => Vec::from_slice(alloc, lines),
     }
 }
 
 // What each line of an entry begins with.
-fn front(alloc: Global, time: u64, peer: Peer, direction: Direction) -> Result<String, AllocError>
+fn front(
+    alloc: Global,
+    time: u64,
+    peer: Peer,
+    direction: LogDirection,
+) -> Result<String, AllocError>
     ensures { IfOk result (λ text. string_bytes text ≡ time_text time ++ sign peer direction) }
 {
     let time = time_text(alloc, time)?;
@@ -313,14 +319,14 @@ fn front(alloc: Global, time: u64, peer: Peer, direction: Direction) -> Result<S
     format!(in alloc; "{time}{sign}")
 }
 
-fn sign(peer: Peer, direction: Direction) -> &'static str
+fn sign(peer: Peer, direction: LogDirection) -> &'static str
     ensures { result.now ≡ sign peer direction }
 {
     match (peer, direction) {
-        (Peer::Engine, Direction::From) => " engine > ",
-        (Peer::Engine, Direction::To) => " engine < ",
-        (Peer::Server, Direction::From) => " server > ",
-        (Peer::Server, Direction::To) => " server < ",
+        (Peer::Engine, LogDirection::From) => " engine > ",
+        (Peer::Engine, LogDirection::To) => " engine < ",
+        (Peer::Server, LogDirection::From) => " server > ",
+        (Peer::Server, LogDirection::To) => " server < ",
     }
 }
 

@@ -14,11 +14,11 @@ ghost use Rattle.shogi_session.specs.State.{client_state, first_state};
 use crate::bridging::{Ends, play};
 use crate::children::{SessionEnd, System};
 use crate::launcher::{Launcher, Local};
-use crate::progress::{Progress, Says, Screen};
+use crate::progress::{Progress, SaysLines, Screen};
 use record_commands::streams;
 use session_setup::disk::LocalDisk;
 use session_setup::login::{Login, RuntimeSecrets, Secrets, login_of};
-use session_setup::out_file::{Named, Place};
+use session_setup::out_file::{Named, TextPlace};
 use session_setup::reading::Variables;
 use session_setup::starting::Starter;
 use session_setup::{MatchFault, PlayCommandFault, SearchPath, paths};
@@ -77,7 +77,7 @@ pub fn run<
 }
 
 // Plays a game whose plan was checked, and adds to the log why there was none.
-fn play_checked<R: Says + AllocGlobal, S: Secrets, H: Launcher, P: Place, W: Write>(
+fn play_checked<R: SaysLines + AllocGlobal, S: Secrets, H: Launcher, P: TextPlace, W: Write>(
     alloc: Global,
     screen: &Screen<'_, R, H::Peers>,
     secrets: &S,
@@ -112,7 +112,7 @@ fn play_checked<R: Says + AllocGlobal, S: Secrets, H: Launcher, P: Place, W: Wri
 
 // Plays the planned game between the programs of the launcher with the login that the plan asks
 // for, and prints the number of its moves.
-fn play_planned<R: Says + AllocGlobal, S: Secrets, H: Launcher, P: Place, W: Write>(
+fn play_planned<R: SaysLines + AllocGlobal, S: Secrets, H: Launcher, P: TextPlace, W: Write>(
     alloc: Global,
     screen: &Screen<'_, R, H::Peers>,
     secrets: &S,
@@ -141,7 +141,7 @@ fn play_planned<R: Says + AllocGlobal, S: Secrets, H: Launcher, P: Place, W: Wri
 
 // Plays the planned game between the programs of the launcher with that login, and prints the
 // number of its moves.
-fn report<R: Says + AllocGlobal, H: Launcher, P: Place, W: Write>(
+fn report<R: SaysLines + AllocGlobal, H: Launcher, P: TextPlace, W: Write>(
     alloc: Global,
     screen: &Screen<'_, R, H::Peers>,
     login: &Login,
@@ -183,7 +183,7 @@ fn played_line(alloc: Global, moves: usize) -> Result<String, AllocError>
 
 // Plays the planned game between the programs of the launcher with that login, if its record can
 // be written. Returns the number of moves of the game.
-fn play_for<R: Says + AllocGlobal, H: Launcher, P: Place>(
+fn play_for<R: SaysLines + AllocGlobal, H: Launcher, P: TextPlace>(
     alloc: Global,
     screen: &Screen<'_, R, H::Peers>,
     login: &Login,
@@ -204,7 +204,7 @@ fn play_for<R: Says + AllocGlobal, H: Launcher, P: Place>(
 
 // Plays the planned game between the programs of the launcher with that login, and writes its
 // record to the draft. Returns the number of moves of the game.
-fn play_in<R: Says + AllocGlobal, H: Launcher, P: Place>(
+fn play_in<R: SaysLines + AllocGlobal, H: Launcher, P: TextPlace>(
     alloc: Global,
     screen: &Screen<'_, R, H::Peers>,
     login: &Login,
@@ -249,7 +249,7 @@ struct Kept {
 }
 
 // Plays between two ends, and keeps the game.
-fn play_between<R: Says + AllocGlobal, E: Ends, P: Place>(
+fn play_between<R: SaysLines + AllocGlobal, E: Ends, P: TextPlace>(
     alloc: Global,
     screen: &Screen<'_, R, E>,
     bridge: &mut Bridge,
@@ -300,7 +300,7 @@ fn close_log<R, E: Ends>(
 
 // Puts the record of the bridge's game in its place, if there is a game, whether the session ended
 // well or not. Returns the number of moves of the game.
-fn keep_game<P: Place>(
+fn keep_game<P: TextPlace>(
     place: &mut P,
     draft: P::Draft,
     bridge: &Bridge,
@@ -330,7 +330,7 @@ fn keep_game<P: Place>(
 
 // Whether the record of the game is kept, if there is one: a game that never began replaces no
 // file.
-fn is_kept<P: Place>(place: &P, draft: &P::Draft, bridge: &Bridge) -> bool
+fn is_kept<P: TextPlace>(place: &P, draft: &P::Draft, bridge: &Bridge) -> bool
     ensures kept { result ≡ true → IsKept bridge.now.state.client (P.replaced draft.now) }
     ensures left { result ≡ false → (client_state bridge.now.state.client ≡ ClientState.Agreeing)
         × (P.replaced draft.now ≡ true) }

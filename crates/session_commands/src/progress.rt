@@ -20,7 +20,7 @@ use std::marker::{Model, PhantomData};
 use std::str;
 
 /// Says to the user how a game goes on. An error is ignored.
-pub trait Says {
+pub trait SaysLines {
     ghost use Rattle.std.specs.Prelude.{◌++◌, ◌∷◌, [], ℕ, List, codes, decimal};
 
     // This was said, or could not be.
@@ -44,7 +44,7 @@ pub trait Says {
 }
 
 // No contract can say what standard error shows.
-impl<R: Eprint> Says for R {
+impl<R: Eprint> SaysLines for R {
     ghost use Rattle.std.specs.Prelude.{⊤};
 
     ghost said = { λ text. ⊤ };
@@ -98,7 +98,7 @@ impl<'a, R, E> Screen<'a, R, E> {
     }
 }
 
-impl<R: Says, E> Screen<'_, R, E> {
+impl<R: SaysLines, E> Screen<'_, R, E> {
     /// Says that the server is waited for, if anything is shown. An error of standard error is
     /// ignored.
     pub fn say_server_waited_for(&self)
@@ -214,7 +214,7 @@ impl<'a, R, E> Progress<'a, R, E> {
     }
 }
 
-impl<R: Says + AllocGlobal, E: Ends> Progress<'_, R, E> {
+impl<R: SaysLines + AllocGlobal, E: Ends> Progress<'_, R, E> {
     /// Says that the engine is waited for, if moves are shown. An error of standard error is
     /// ignored.
     pub fn begin(&self)

@@ -4,11 +4,12 @@ ghost use Rattle.std.specs.Prelude.{List, ℕ, IfOk, string_bytes};
 ghost use Rattle.session_commands.specs.Words.{IsReasonLine};
 
 use crate::children::local_address;
+use record_commands::system_words::without_number;
 use session_setup::out_file;
 use session_setup::paths::{ENGINE_ERRORS, SERVER_ERRORS, starts_server};
 use session_setup::reading::SeesFiles;
 use shogi_board::OutOfMemory;
-use shogi_words::Plan;
+use shogi_words::{Plan, ServerChoice};
 use std::alloc::Global;
 use std::fs::{self, File, OpenOptions};
 use std::io;
@@ -45,7 +46,7 @@ pub fn unwritable<R: Files + AllocGlobal>(
     }
     match plan.log {
         None | Some("-") => Ok(String::new(rt.alloc())),
-        Some(log) => unwritable_log(rt, log, starts_server(plan.server)),
+        Some(log) => unwritable_log(rt, log, plan.server),
     }
 }
 
@@ -53,12 +54,12 @@ pub fn unwritable<R: Files + AllocGlobal>(
 fn unwritable_log<R: Files + AllocGlobal>(
     rt: &R,
     log: &str,
-    starts_server: bool,
+    server: ServerChoice<'_>,
 ) -> Result<String, OutOfMemory>
     ensures { IfOk result (λ text. (name : List ℕ) × IsReasonLine name (string_bytes text)) }
 {
     for ending in ["", ENGINE_ERRORS, SERVER_ERRORS] {
-        let is_made = starts_server || ending != SERVER_ERRORS;
+        let is_made = starts_server(server) || ending != SERVER_ERRORS;
         let name = format!(in rt.alloc(); "{log}{ending}")?;
         if is_made {
             if let Err(error) = tried(rt, name.as_str()) {
@@ -126,11 +127,4 @@ fn reason_line(alloc: Global, name: &str, error: &io::Error) -> Result<String, O
     let words = format!(in alloc; "{error}")?;
     let reason = without_number(&words);
     Ok(format!(in alloc; "  {name}: {reason}\n")?)
-}
-
-fn without_number(words: &str) -> &str {
-    match words.split_once(" (os error ") {
-        Some((reason, _)) => reason,
-        None => words,
-    }
 }

@@ -8,7 +8,7 @@ use Rattle.std.specs.Io.Take.{take_inner, take_limit, take_remaining}
 use Rattle.std.specs.declared.io.traits.Take.{Take}
 use Rattle.std.specs.List.{AllByRecursion, before_first, position_or_len, prefix_len}
 use Rattle.std.specs.Str.{IsUtf8}
-use Rattle.session_setup.specs.Logins.{GivesLine, GivesNoWord, GivesPassword, HasNoPassword, Holds, Opens, bad_line, bad_text, first_line, in_file, in_variable, no_file, no_memory, no_room, no_text, no_word, unread}
+use Rattle.session_setup.specs.Logins.{GivesNoWord, GivesPassword, HasFirstLine, HasNoPassword, Holds, Opens, bad_line, bad_text, first_line, in_file, in_variable, no_file, no_memory, no_room, no_text, no_word, unread}
 use Rattle.session_setup.specs.declared.fault.LoginFault.{LoginFault}
 use Rattle.session_setup.specs.declared.fault.LoginFault.TheVariants.{BadPassword, Read, OutOfMemory}
 use Rattle.host_and_sample.specs.Host.{IsLoginWord}
@@ -73,7 +73,7 @@ front_read remaining t file n old new limit inner none given =
 pub word_given : {T : Type 0} (text_of : T → List ℕ) (bytes : Option (List ℕ)) (n : ℕ) (front line : List ℕ) (found : Option T)
     → 32 < n → IfSome bytes (λ all. front ≡ take n all) → line ≡ first_line front
     → MatchOption found (IsLoginWord line → ⊥) (λ w. IsLoginWord line × (text_of w ≡ line))
-    → IfOk (ok_or found BadPassword) (λ w. IsLoginWord (text_of w) × GivesLine bytes (text_of w))
+    → IfOk (ok_or found BadPassword) (λ w. IsLoginWord (text_of w) × HasFirstLine bytes (text_of w))
 word_given text_of None n front line (Some w) far whole is given = (subst IsLoginWord (sym given.1) given.0, tt)
 word_given text_of (Some all) n front line (Some w) far whole is given =
     (subst IsLoginWord (sym given.1) given.0, given.1 ∙ is ∙ front_gives n front all far whole (subst IsLoginWord is given.0))
@@ -101,7 +101,8 @@ all_before p bytes none = sym (take_all (position_or_len p bytes) bytes (past _ 
 
 -- what the first line of a file gives, the file gives
 pub file_gives : {T S F : Type 0} (opens : Opens S F) (bytes_of : F → Option (List ℕ)) (holds : Holds S) (secrets : S) (path : Bor (List ℕ)) (file : F) (text_of : T → List ℕ) (r : Result T LoginFault)
-    → opens secrets path.now file → IfOk r (λ w. IsLoginWord (text_of w) × GivesLine (bytes_of file) (text_of w))
+    → opens secrets path.now file
+    → IfOk r (λ w. IsLoginWord (text_of w) × HasFirstLine (bytes_of file) (text_of w))
     → IfOk r (λ w. IsLoginWord (text_of w) × GivesPassword opens bytes_of holds secrets (File path) (text_of w))
 file_gives opens bytes_of holds secrets path file text_of (Ok w) is given = (given.0, in_file path file (text_of w) is given.1)
 file_gives opens bytes_of holds secrets path file text_of (Err fault) is given = tt

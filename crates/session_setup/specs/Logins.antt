@@ -25,12 +25,12 @@ abbrev pub first_line : List ℕ → List ℕ
 first_line bytes = before_first (λ b. b == 13 || b == 10) bytes
 
 -- this is the first line of these bytes, if they are known
-abbrev pub GivesLine : Option (List ℕ) → List ℕ → Type 0
-GivesLine bytes line = IfSome bytes (λ all. line ≡ first_line all)
+abbrev pub HasFirstLine : Option (List ℕ) → List ℕ → Type 0
+HasFirstLine bytes line = IfSome bytes (λ all. line ≡ first_line all)
 
 -- the first line of these bytes is no password; with the fault that is reported
 pub data GivesNoWord (bytes : Option (List ℕ)) : LoginFault → Type 0 where
-  bad_line : (line : List ℕ) → GivesLine bytes line → (IsLoginWord line → ⊥)
+  bad_line : (line : List ℕ) → HasFirstLine bytes line → (IsLoginWord line → ⊥)
       → GivesNoWord bytes BadPassword
   -- a read failed
   unread : GivesNoWord bytes Read
@@ -40,7 +40,7 @@ pub data GivesNoWord (bytes : Option (List ℕ)) : LoginFault → Type 0 where
 pub data GivesPassword {S F : Type 0} (opens : Opens S F) (bytes_of : F → Option (List ℕ))
     (holds : Holds S) (secrets : S) : PasswordSource → List ℕ → Type 0 where
   in_file : (path : Bor (List ℕ)) (file : F) (word : List ℕ)
-      → opens secrets path.now file → GivesLine (bytes_of file) word
+      → opens secrets path.now file → HasFirstLine (bytes_of file) word
       → GivesPassword opens bytes_of holds secrets (File path) word
   in_variable : (word : List ℕ) → holds secrets (Some word)
       → GivesPassword opens bytes_of holds secrets Variable word

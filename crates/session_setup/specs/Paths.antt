@@ -23,19 +23,19 @@ starts_server (At address) = false
 
 -- this is the path of the log, or of the file for what the engine says, or of that for what a
 -- server says that is to be started
-abbrev pub IsLogPath : List ℕ → Bool → List ℕ → Type 0
-IsLogPath log starts path = (path ≡ log) ⊎ ((path ≡ log ++ codes ".engine")
-    ⊎ ((starts ≡ true) × (path ≡ log ++ codes ".server")))
+abbrev pub IsLogPath : List ℕ → ServerChoice → List ℕ → Type 0
+IsLogPath log server path = (path ≡ log) ⊎ ((path ≡ log ++ codes ".engine")
+    ⊎ ((starts_server server ≡ true) × (path ≡ log ++ codes ".server")))
 
 -- a log that is no standard error is at this path, or a file beside it is
-abbrev pub TakesPath : Option (Bor (List ℕ)) → Bool → List ℕ → Type 0
-TakesPath None starts path = ⊥
-TakesPath (Some log) starts path =
-    (log.now ≢ codes "-") × IsLogPath log.now starts path
+abbrev pub TakesPath : Option (Bor (List ℕ)) → ServerChoice → List ℕ → Type 0
+TakesPath None server path = ⊥
+TakesPath (Some log) server path =
+    (log.now ≢ codes "-") × IsLogPath log.now server path
 
 -- the log of a plan, or a file beside it, is at this path
 abbrev pub LogTakes : Plan → List ℕ → Type 0
-LogTakes plan path = TakesPath plan.log (starts_server plan.server) path
+LogTakes plan path = TakesPath plan.log plan.server path
 
 -- it is written at this path
 abbrev pub Writes : Plan → Written → List ℕ → Type 0

@@ -1,13 +1,14 @@
 //! The name and the password that `play` logs in with.
 
-ghost use Rattle.std.specs.Prelude.{◌≡◌, ◌↔◌, ◌⊎◌, IfErr, IfOk, IsTrue, MatchOption, OnOk, option_map, string_bytes};
+ghost use Rattle.std.specs.Prelude.{◌≡◌, ◌⊎◌, IfErr, IfOk, MatchOption, OnOk, option_map, string_bytes};
 ghost use Rattle.std.specs.Process.{SameProgramAndArgs};
-ghost use Rattle.session_setup.specs.Logins.{AreLoginWords, GivesLine, GivesNoWord, GivesPassword, HasNoLogin, HasNoPassword, IsLoginOf, IsWithoutPassword, first_line};
+ghost use Rattle.session_setup.specs.Logins.{AreLoginWords, GivesNoWord, GivesPassword, HasFirstLine, HasNoLogin, HasNoPassword, IsLoginOf, IsWithoutPassword, first_line};
 ghost use Rattle.host_and_sample.specs.Host.{IsLoginWord};
 
 use crate::fault::LoginFault;
 use crate::reading::{OpensFiles, Variables};
 use arrayvec::ArrayString;
+use host_and_sample::is_login_word;
 use shogi_words::{PasswordSource, Plan};
 use std::alloc::{AllocError, Global};
 use std::env::VarError;
@@ -162,7 +163,7 @@ fn password_of<S: Secrets>(
 // The first line of the file, as a password.
 fn password_in<F: Read + Drop>(alloc: Global, file: F) -> Result<ArrayString<32>, LoginFault>
     ensures given { IfOk result (λ word. IsLoginWord word.bytes
-        × GivesLine (F.remaining file) word.bytes) }
+        × HasFirstLine (F.remaining file) word.bytes) }
     ensures none { IfErr result (GivesNoWord (F.remaining file)) }
 {
     let mut bytes = Vec::new(alloc);
@@ -204,13 +205,6 @@ fn credential(bytes: &[u8]) -> Option<ArrayString<32>>
         Ok(text) => Some(ArrayString::from(text).unwrap()),
         Err(_) => None,
     }
-}
-
-// Whether these are 1 to 32 bytes from 0x21 to 0x7E.
-fn is_login_word(bytes: &[u8]) -> bool
-    ensures { IsTrue result ↔ IsLoginWord bytes.now }
-{
-    !bytes.is_empty() && bytes.len() <= 32 && bytes.iter().all(|b| 0x21 <= *b && *b <= 0x7E)
 }
 
 /// Takes the variable with the password from the environment of a program that is to be started.

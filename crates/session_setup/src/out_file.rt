@@ -15,7 +15,7 @@ use std::marker::Model;
 const NAMES: u32 = 100;
 
 /// Where a text replaces what was there.
-pub trait Place {
+pub trait TextPlace {
     ghost use Rattle.std.specs.Prelude.{◌≡◌, ℕ, Bool, List};
     ghost use Rattle.session_setup.specs.declared.fault.MatchFault.{MatchFault as Fault};
 
@@ -107,7 +107,7 @@ impl<'a, D: Disk + Drop> Named<'a, D> {
     }
 }
 
-impl<D: Disk + Drop> Place for Named<'_, D> {
+impl<D: Disk + Drop> TextPlace for Named<'_, D> {
     ghost use Rattle.std.specs.Prelude.{Err, Ok};
     ghost use Rattle.session_setup.specs.Disk.{Abandons, Begins, BeginsNot, Finishes, replaces_of};
 

@@ -248,7 +248,7 @@ impl<'a> Location<'a> {
 fn log_takes(plan: &Plan<'_, '_>, path: &str) -> bool
     ensures { IsTrue result ↔ LogTakes plan.now path.now }
 {
-    takes_path(plan.log, starts_server(plan.server), path)
+    takes_path(plan.log, plan.server, path)
 }
 
 /// Whether the server is one to start.
@@ -262,22 +262,22 @@ pub fn starts_server(server: ServerChoice<'_>) -> bool
 }
 
 // Whether the log, or a file beside it, is at this path. Standard error is at none.
-fn takes_path(log: Option<&str>, starts_server: bool, path: &str) -> bool
-    ensures { IsTrue result ↔ TakesPath log.entry starts_server path.now }
+fn takes_path(log: Option<&str>, server: ServerChoice<'_>, path: &str) -> bool
+    ensures { IsTrue result ↔ TakesPath log.entry server.entry path.now }
 {
     match log {
         None | Some("-") => false,
-        Some(log) => is_log_path(log, starts_server, path),
+        Some(log) => is_log_path(log, server, path),
     }
 }
 
 // Whether the path is that of the log or of a file beside it.
-fn is_log_path(log: &str, starts_server: bool, path: &str) -> bool
-    ensures { IsTrue result ↔ IsLogPath log.now starts_server path.now }
+fn is_log_path(log: &str, server: ServerChoice<'_>, path: &str) -> bool
+    ensures { IsTrue result ↔ IsLogPath log.now server.entry path.now }
 {
     path == log
         || is_beside(log, ENGINE_ERRORS, path)
-        || (starts_server && is_beside(log, SERVER_ERRORS, path))
+        || (starts_server(server) && is_beside(log, SERVER_ERRORS, path))
 }
 
 // Whether the path is that of the log and this ending.

@@ -1,5 +1,5 @@
 use Rattle.session_setup.proofs.Replacing.{finishes_fault, finishes_not, finishes_ok}
-use Rattle.session_setup.proofs.out_file.NamedPlace.finish.Goals as goal
+use Rattle.session_setup.proofs.out_file.NamedTextPlace.finish.Goals as goal
 
 pub returns : goal.returns
 returns g c = record {
