@@ -7,7 +7,26 @@ use shogi_session::{Bridge, Host, Out, Sample, SessionFault, Status};
 use std::alloc::Global;
 use std::io::Print;
 
-/// The machines of a script.
+/// A bridge, a host and a sample engine.
+#[derive(Drop)]
+pub(crate) struct Machines {
+    pub bridge: Bridge,
+    pub host: Host,
+    pub sample: Sample,
+}
+
+impl Machines {
+    fn new(alloc: Global, bridge_words: &str, host_words: &str) -> Result<Machines> {
+        let host = new_host(alloc, host_words)?;
+        Ok(Machines {
+            bridge: new_bridge(alloc, bridge_words)?,
+            host,
+            sample: Sample::new(alloc),
+        })
+    }
+}
+
+/// The machines of a script, and what was said to them.
 #[derive(Drop)]
 pub(crate) struct Desk<'a> {
     pub alloc: Global,
@@ -15,9 +34,7 @@ pub(crate) struct Desk<'a> {
     /// The words of the last `bridge` and the last `host`.
     pub bridge_words: &'a str,
     pub host_words: &'a str,
-    pub bridge: Bridge,
-    pub host: Host,
-    pub sample: Sample,
+    pub machines: Machines,
     /// In a game of the two: what the host sent and the bridge has not read, and the last lines to
     /// the engine.
     pub unread: Vec<u8>,
@@ -43,9 +60,7 @@ impl<'a> Desk<'a> {
             script,
             bridge_words: BRIDGE,
             host_words: HOST,
-            bridge: new_bridge(alloc, BRIDGE)?,
-            host: new_host(alloc, HOST)?,
-            sample: Sample::new(alloc),
+            machines: Machines::new(alloc, BRIDGE, HOST)?,
             unread: Vec::new(alloc),
             sent_to_engine: Vec::new(alloc),
         })
@@ -53,9 +68,7 @@ impl<'a> Desk<'a> {
 
     /// Replaces these machines by new ones.
     pub(crate) fn renew(&mut self) -> Result<()> {
-        self.bridge = new_bridge(self.alloc, self.bridge_words)?;
-        self.host = new_host(self.alloc, self.host_words)?;
-        self.sample = Sample::new(self.alloc);
+        self.machines = Machines::new(self.alloc, self.bridge_words, self.host_words)?;
         self.unread.clear();
         Ok(())
     }
@@ -82,19 +95,20 @@ impl<'a> Desk<'a> {
 pub(crate) fn hand<R: Print>(rt: &R, desk: &mut Desk<'_>, line: &str, shown: Shown) -> Result<()> {
     let bytes = unescape(desk.alloc, line)?;
     if let Some(rest) = bytes.as_slice().strip_prefix(b"sample:".as_slice()) {
-        let out = desk.sample.step(rest)?;
+        let out = desk.machines.sample.step(rest)?;
         return answer(rt, line, out.lines.bytes(), out.ended, shown);
     }
     if let Some((seconds, _)) = line.strip_prefix("client ").unwrap_or("").split_once(':') {
         let mut parts = bytes.as_slice().splitn(2, |b| *b == b':');
         let _ = parts.next();
         let out = desk
+            .machines
             .host
             .step(parts.next().unwrap_or(b""), seconds.parse::<u32>()?)?;
         desk.unread.extend_from_slice(out.to_client.bytes())?;
         return answer(rt, line, out.to_client.bytes(), out.ended, shown);
     }
-    hand_bridge(rt, &mut desk.bridge, line, bytes.as_slice(), shown)
+    hand_bridge(rt, &mut desk.machines.bridge, line, bytes.as_slice(), shown)
 }
 
 // Prints what a host or a sample engine answered.

@@ -9,14 +9,20 @@ use std::alloc::{AllocError, Global};
 
 /// The bytes of a text in which `\xNN` means one byte.
 pub(crate) fn unescape(alloc: Global, text: &str) -> Result<Vec<u8>, AllocError> {
+    let mut bytes = Vec::new(alloc);
+    extend_unescaped(&mut bytes, text)?;
+    Ok(bytes)
+}
+
+fn extend_unescaped(bytes: &mut Vec<u8>, text: &str) -> Result<(), AllocError> {
     let mut parts = text.split("\\x");
-    let mut bytes = Vec::from_slice(alloc, parts.next().unwrap_or("").as_bytes())?;
+    bytes.extend_from_slice(parts.next().unwrap_or("").as_bytes())?;
     for part in parts {
         let (digits, rest) = part.split_at_checked(2).unwrap_or(("", part));
         bytes.push(u8::from_str_radix(digits, 16).unwrap_or(b'?'))?;
         bytes.extend_from_slice(rest.as_bytes())?;
     }
-    Ok(bytes)
+    Ok(())
 }
 
 fn is_line(line: &[u8]) -> bool

@@ -15,11 +15,11 @@ pub(crate) fn play_on<R: Print>(rt: &R, desk: &mut Desk<'_>, answers: &str) -> R
     exchange(desk, b"begin")?;
     let mut answers = answers.split(' ');
     for _ in 0..MOST_LINES {
-        match desk.bridge.waits_for() {
+        match desk.machines.bridge.waits_for() {
             Waits::Nobody => break,
             Waits::Server => hear_host(desk)?,
             Waits::Engine => {
-                let answer = match desk.bridge.engine_state() {
+                let answer = match desk.machines.bridge.engine_state() {
                     EngineState::Greeting => "usiok",
                     EngineState::Readying => "readyok",
                     _ => answers.next().unwrap_or(""),
@@ -35,7 +35,7 @@ pub(crate) fn play_on<R: Print>(rt: &R, desk: &mut Desk<'_>, answers: &str) -> R
         "  engine {}\n ",
         desk.sent_to_engine.as_slice().escape_ascii()
     )?;
-    print_state(rt, &desk.bridge)
+    print_state(rt, &desk.machines.bridge)
 }
 
 // Gives the bridge an event, and the host each line that the bridge sends it, each after 2 seconds.
@@ -43,13 +43,13 @@ fn exchange(desk: &mut Desk<'_>, bytes: &[u8]) -> Result<()> {
     let Some(event) = read_event(bytes) else {
         bail!("a line with a line end");
     };
-    let out = desk.bridge.step(event)?;
+    let out = desk.machines.bridge.step(event)?;
     if !out.to_engine.bytes().is_empty() {
         desk.sent_to_engine = Vec::from_slice(desk.alloc, out.to_engine.bytes())?;
     }
     for line in out.to_server.bytes().split(|b| *b == b'\n') {
         if !line.is_empty() {
-            let answer = desk.host.step(line, 2)?;
+            let answer = desk.machines.host.step(line, 2)?;
             desk.unread.extend_from_slice(answer.to_client.bytes())?;
         }
     }

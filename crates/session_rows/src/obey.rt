@@ -119,7 +119,7 @@ fn repeat<R: Print>(rt: &R, desk: &mut Desk<'_>, rest: &str) -> Result<()> {
 
 // Prints the game's text, or its last bytes if their number is not 0.
 fn print_text<R: Print>(rt: &R, desk: &Desk<'_>, bytes: usize) -> Result<()> {
-    match desk.bridge.game_text()? {
+    match desk.machines.bridge.game_text()? {
         None => println!(rt; "text none")?,
         Some(text) if bytes == 0 => println!(rt; "text {}", text.as_slice().escape_ascii())?,
         Some(text) => {

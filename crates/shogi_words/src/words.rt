@@ -101,7 +101,7 @@ fn hash_comments<'a>(alloc: Global) -> Arg<'a>
     flag(
         alloc,
         "hash-comments",
-        "A line that begins with # is read as a comment (servers write #RESIGN)",
+        "A line that begins with # is a comment, not refused as C8 (servers write #RESIGN)",
     )
 }
 

@@ -1,23 +1,17 @@
-//! A call of each public item that other programs rely on, by its path and at its signature, so
-//! that none is lost when code moves between crates. Most items are hardly tested here: what an
-//! item promises is proved where it is defined.
+//! The tests of the public surface of the libraries of records, archives and sessions: each public
+//! item named once, and what their calls answer, as another crate makes them. In this folder this
+//! runs those of archives without proofs:
+//!
+//! ```text
+//! rt try --test -- archive
+//! ```
 #![tactic(auto)]
 
 #[cfg(test)]
-mod board_tests;
+mod archive;
 #[cfg(test)]
-mod law_tests;
+mod items;
 #[cfg(test)]
-mod memory;
+mod record;
 #[cfg(test)]
-mod record_tests;
-#[cfg(test)]
-mod refusal_tests;
-#[cfg(test)]
-mod rules_tests;
-#[cfg(test)]
-mod session_tests;
-#[cfg(test)]
-mod text_tests;
-#[cfg(test)]
-mod usi_tests;
+mod session;

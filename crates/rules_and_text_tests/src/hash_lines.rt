@@ -1,0 +1,3 @@
+//! The tests of `hash_comments`.
+
+mod tests;

@@ -1,4 +1,0 @@
-use Rattle.rules_tests.proofs.counting_tests.+count_lines.Given as goal
-
-abbrev pub decreases-count_lines : goal.decreases-count_lines
-decreases-count_lines l = l.depth

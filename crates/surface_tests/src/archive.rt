@@ -1,0 +1,6 @@
+//! The tests of `game_archive`, on an archive in memory.
+
+mod growth_tests;
+mod shelf;
+mod tests;
+mod texts;
