@@ -83,6 +83,14 @@ fn setups(rt: &impl Abort) -> Result<(), Fail> {
     Ok(())
 }
 
+// A piece goes to a hand, and from it.
+fn hands_of_a_setup(rt: &impl Abort) {
+    let mut setup = Setup::empty();
+    assert!(rt; setup.add_hand(Color::Black, Kind::Pawn) == Ok(()));
+    assert!(rt; setup.take_hand(Color::Black, Kind::Pawn) == Ok(()));
+    assert!(rt; setup == Setup::empty());
+}
+
 // What the rules ask of colours, kinds and positions.
 fn calls_for_rules(rt: &impl Abort) -> Result<(), Fail> {
     let other: Color = !Color::Black;
@@ -103,6 +111,20 @@ fn calls_for_rules(rt: &impl Abort) -> Result<(), Fail> {
     Ok(())
 }
 
+// A legal move is made.
+fn plays_a_move(rt: &impl Abort) -> Result<(), Fail> {
+    let mut situation = Situation::from(Position::even());
+    let walk = Move::Walk {
+        from: square(7, 7)?,
+        to: square(7, 6)?,
+        kind: Kind::Pawn,
+    };
+    assert!(rt; situation.keeps(&walk));
+    assert!(rt; situation.play(&walk) == Ok(()));
+    assert!(rt; situation.as_ref().side() == Color::White);
+    Ok(())
+}
+
 // No call of `shogi_board` allocates.
 #[test]
 fn needs_no_memory(rt: HostRuntime) -> Result<(), Fail> {
@@ -110,7 +132,9 @@ fn needs_no_memory(rt: HostRuntime) -> Result<(), Fail> {
     squares_and_hands(&rt)?;
     positions(&rt)?;
     setups(&rt)?;
+    hands_of_a_setup(&rt);
     calls_for_rules(&rt)?;
+    plays_a_move(&rt)?;
     refuse_no_more(&rt)
 }
 

@@ -106,7 +106,7 @@ fn pairs(rt: &impl Abort) -> Result<(), Fail> {
     };
     let pairs: Pairs<'_> = pieces;
     let count: usize = pairs.len();
-    assert!(rt; color == Color::White && count == 2);
+    assert!(rt; color == Color::White && count == 2 && !pairs.is_empty());
     assert!(rt; pairs.get(0) == Some(Pair::InHand(Kind::Pawn)) && pairs.get(1) == Some(Pair::Rest));
     Ok(())
 }
