@@ -1,10 +1,12 @@
 //! What the command line asks for, and how it is done.
 
 ghost use Rattle.std.specs.Prelude.{◌≡◌, ◌⊎◌, ◌↔◌, ◌&&◌, ◌≤◌, IfErr, IfOk, IsTrue, OnOk, Some, count_by, string_bytes};
-ghost use Rattle.clap.specs.Words.{subcommand_name_of};
+ghost use Rattle.clap.specs.Words.{found_of, subcommand_name_of};
+ghost use Rattle.clap.specs.declared.parser.matches.ArgMatches.{ArgMatches};
 ghost use Rattle.shogi.specs.Asking.{AreFiles, IsStopOf, IsStopOfFiles, is_not_text};
 ghost use Rattle.shogi.specs.Explained.{IsExplained, IsFileExplained, IsPlayExplained, IsServeExplained};
 ghost use Rattle.shogi_rules.specs.Positions as positions;
+ghost use Rattle.shogi_words.specs.Requests.{AreWordsOf, SaysWords};
 ghost use Rattle.shogi_words.specs.Words.{IsNoCommand, word_of};
 
 use crate::stop::Stop;
@@ -56,6 +58,9 @@ pub fn requested<'m, 'a>(
     ensures named { IfOk result (λ r. subcommand_name_of matches.now ≡ Some (word_of r)) }
     ensures within { IfOk result (λ r. (s : Service)
         → r ≡ Request.Serve s → (1 ≤ s.max_moves) × (s.max_moves ≤ positions.max_moves)) }
+    ensures said { IfOk result
+        (λ r. (words : ArgMatches) × AreWordsOf matches.now words
+        × SaysWords (found_of words) is_terminal r) }
     ensures unknown { IfErr result
         (λ stop. (stop ≡ Stop.UnknownCommand) × IsNoCommand (subcommand_name_of matches.now)) }
 {
